@@ -1,4 +1,5 @@
-"""Runs of config_reader on random settings, and what git says of them, for tools/beside.
+"""Runs of config_reader on random settings, and on files of this machine's packages that git reads, and what git says of
+them, for tools/beside.
 
 A text that both read, both have to read alike. One that git refuses, config_reader refuses too. One that git reads it
 may refuse for a reason that docs/TOOLS.md lists, since other readers take it otherwise.
@@ -8,11 +9,12 @@ import subprocess
 import tempfile
 
 SECONDS = 60
+ENDINGS = (".ini", ".cfg", ".conf", ".desktop")
 # What config_reader says of lines that others read otherwise.
 OTHERWISE = ("indented more than the setting above it", "# or ; in a word without quotes", "capital behind the dot of a section",
-             "not a section or a setting", "not the name of a section", "no line behind a backslash", "a quote has no end")
+             "not a section or a setting", "not the name of a section", "no line behind a backslash", "not UTF-8")
 SECTIONS = ["[a]", "[A]", "[b]", '[a "x"]', '[a "X y"]', '[a "q\\"r"]', "[b.c]", "[ a]", "[a", '[a""]', '[a "x" ]', "[]", "[d-1]", '[a "x.y"]', "[a]\tk = v"]
-KEYS = ["k", "K", "key-2", "url", "k1", "1k", "k_", "-k", "k k", ""]
+KEYS = ["k", "K", "key-2", "url", "k1", "k k", ""]
 PIECES = ["v", "value", "1", " ", "  ", '"', '"a b"', '" # ; "', "\\\"", "\\\\", "\\n", "\\t", "\\b", "\\x", "\\", "#", " # c", " ; c", ";", "=", "'", "é", "\\\n",
           "\\\n\t"]
 NAMES = ["a.k", "A.K", "a.x.k", "a.X y.key-2", "b.url", "b.c.k", "d-1.k1", "a.x.y.k", "no.k"]
@@ -97,7 +99,20 @@ def judge_set(before, name, value):
     return judge
 
 
+def installed():
+    """The texts of the files of settings that the machine's packages have, if git reads them."""
+    for top in ("/usr/share", "/etc"):
+        for file in sorted(pathlib.Path(top).rglob("*")):
+            if (file.suffix in ENDINGS or file.name == "gitconfig") and file.is_file() and not file.is_symlink():
+                text = file.read_bytes()
+                settings = Git(text).settings()
+                if settings is not None:
+                    yield text, settings
+
+
 def runs(draw, count):
+    for text, settings in installed():
+        yield GitRun(["-z", "-", "list"], text, (settings, 0 if settings else 1))
     for _ in range(count):
         text = text_of(draw).encode()
         git = Git(text)
