@@ -1,8 +1,9 @@
 """Runs of config_reader on random settings, and on files of this machine's packages that git reads, and what git says of
 them, for tools/beside.
 
-A text that both read, both have to read alike. One that git refuses, config_reader refuses too. One that git reads it
-may refuse for a reason that docs/TOOLS.md lists, since other readers take it otherwise.
+A text that both read, both have to read alike, but for tabs within a value, which git reads as blanks before version
+2.45. One that git refuses, config_reader refuses too. One that git reads it may refuse for a reason that docs/TOOLS.md
+lists, since other readers take it otherwise.
 """
 import pathlib
 import subprocess
@@ -16,7 +17,7 @@ OTHERWISE = ("indented more than the setting above it", "# or ; in a word withou
 SECTIONS = ["[a]", "[A]", "[b]", '[a "x"]', '[a "X y"]', '[a "q\\"r"]', "[b.c]", "[ a]", "[a", '[a""]', '[a "x" ]', "[]", "[d-1]", '[a "x.y"]', "[a]\tk = v"]
 KEYS = ["k", "K", "key-2", "url", "k1", "k k", ""]
 PIECES = ["v", "value", "1", " ", "  ", '"', '"a b"', '" # ; "', "\\\"", "\\\\", "\\n", "\\t", "\\b", "\\x", "\\", "#", " # c", " ; c", ";", "=", "'", "é", "\\\n",
-          "\\\n\t"]
+          "\\\n  "]
 NAMES = ["a.k", "A.K", "a.x.k", "a.X y.key-2", "b.url", "b.c.k", "d-1.k1", "a.x.y.k", "no.k"]
 VALUES = ["v", "", " v ", "a b", '"', "a#b", "a;b", "\\", "x\ny", "é", "'", "=", "a\\nb"]
 
