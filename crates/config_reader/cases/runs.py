@@ -162,3 +162,6 @@ def runs():
         yield (b"", words, {"file": b"[a]\n"}), (b"", b"", 1)
     for text, words, reason in BAD:
         yield (b"", ["file", *words], {"file": text.encode()}), (b"", f"config_reader: {reason}\n".encode(), 2)
+    # A line of ten million bytes.
+    long = "v" * 10_000_000
+    yield (b"", ["file", "get", "a.b"], {"file": f"[a]\nb = {long}\n".encode()}), (f"{long}\n".encode(), b"", 0)

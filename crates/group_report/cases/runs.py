@@ -230,3 +230,6 @@ def runs():
     yield (b"", ["--version", "absent.txt"]), (f"group_report {VERSION}\n".encode(), b"", 0)
     yield (b"", ["absent.txt"]), (b"", b"group_report: absent.txt: No such file or directory (os error 2)\n", 4)
     yield (b"", ["."]), (b"", b"group_report: .: Is a directory (os error 21)\n", 4)
+    # A line of ten million bytes.
+    text = b"v" * 10_000_000 + b" 7\n"
+    yield (text, ["--tsv", "-"]), wanted(text, {"tsv": True}, False, "standard input")

@@ -93,3 +93,6 @@ def runs():
         yield (b"", ["file", *words], {"file": text.encode()}), (b"", b"", 1)
     for text, words, reason in BAD:
         yield (b"", ["file", *words], {"file": text.encode()}), (b"", f"header_store: {reason}\n".encode(), 2)
+    # A line of ten million bytes.
+    long = b"v" * 10_000_000
+    yield (b"", ["file", "get", "a"], {"file": b"A: " + long + b"\n"}), (long + b"\n", b"", 0)

@@ -131,3 +131,6 @@ def runs():
         yield (b"", words), (output, b"", 0)
     for words, message in FAULTS:
         yield (b"", words), (b"", message, 2)
+    # A line of ten million bytes.
+    long = b"v" * 10_000_000
+    yield (b"a=" + long + b"&b=1\n", ["-", "get", "a"]), (long + b"\n", b"", 0)
