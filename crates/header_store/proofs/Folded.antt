@@ -1,6 +1,6 @@
--- Where lines go on, step by step.
+-- Where lines go on, and which bytes they may have, step by step.
 use Rattle.std.proofs.Common.{◌≡◌, ℕ, true, false, ◌==◌, Bool, List, [], ◌∷◌, ◌++◌, refl, sym, length, arith, append-nil, append_assoc}
-use Rattle.header_store.specs.Fields.{is_blank, is_line_end, unfolded}
+use Rattle.header_store.specs.Fields.{are_allowed, is_allowed, is_blank, is_line_end, unfolded}
 use Rattle.header_store.specs.Message.{behind_folded}
 
 -- within a line
@@ -58,3 +58,19 @@ pub all_added : (bytes : List ℕ) (is_behind : Bool) (rest : List ℕ) → leng
 all_added bytes is_behind rest none = rw (no_byte is_behind rest none) (append-nil bytes)
 
 pub ruleset value_steps = (byte_stays, line_ends, end_goes_on, blank_goes, next_line, one_more_byte, all_added)
+
+-- a byte that is allowed, another one, and none
+pub byte_allowed : (b : ℕ) (text : List ℕ) → is_allowed b text ≡ true → are_allowed (b ∷ text) ≡ are_allowed text
+unfolding are_allowed
+byte_allowed b text allowed = rw allowed refl
+
+pub byte_forbidden : (b : ℕ) (text : List ℕ) → is_allowed b text ≡ false → are_allowed (b ∷ text) ≡ false
+unfolding are_allowed
+byte_forbidden b text forbidden = rw forbidden refl
+
+pub none_forbidden : (text : List ℕ) → length text ≡ 0 → are_allowed text ≡ true
+unfolding are_allowed
+none_forbidden [] none = refl
+none_forbidden (b ∷ text) none = absurd (omega arith)
+
+pub ruleset allowed_steps = (byte_allowed, byte_forbidden, none_forbidden)

@@ -1,9 +1,8 @@
 -- What stands before and behind a byte, and what RFC 9110 allows in names and values of headers.
-use Rattle.std.specs.Prelude.{ℕ, ◌<◌, ◌==◌, ◌||◌, Bool, true, false, not, IsTrue, nat_eq}
+use Rattle.std.specs.Prelude.{ℕ, ◌<◌, ◌==◌, ◌&&◌, ◌||◌, Bool, true, false, not, IsTrue, nat_eq}
 use Rattle.std.specs.Prelude.{List, [], ◌∷◌, length, All, codes, if◌then◌else◌}
 use Rattle.std.specs.Char.{is_ascii_alphanumeric, is_ascii_control}
-use Rattle.std.specs.List.{after_first, before_first, list_any, slice_split}
-use Rattle.program_parts.specs.Lines.{without_return}
+use Rattle.std.specs.List.{after_first, before_first, list_any}
 use Rattle.header_store.specs.declared.field.Field.{Field}
 use Rattle.header_store.specs.declared.field.Field.TheVariants.{Read, Written}
 
@@ -32,10 +31,20 @@ before_byte separator text = before_first (λ byte. byte == separator) text
 abbrev pub behind_byte : ℕ → List ℕ → List ℕ
 behind_byte separator text = after_first (λ byte. byte == separator) text
 
--- no line of the text, without a carriage return at its end, has a byte that values must not have
-abbrev pub AreValueLines : List ℕ → Type 0
-AreValueLines text =
-    All (λ line. IsValue (without_return line)) (slice_split (λ byte. byte == 10) text)
+-- whether a line ends in front of this text
+abbrev pub ends_here : List ℕ → Bool
+ends_here [] = true
+ends_here (byte ∷ text) = byte == 10
+
+-- whether the byte may stand in a value, or ends one of its lines: a line feed, or a carriage
+-- return in front of one or at the end
+abbrev pub is_allowed : ℕ → List ℕ → Bool
+is_allowed byte behind = (is_value_byte byte || byte == 10) || (byte == 13 && ends_here behind)
+
+-- whether each byte may
+unfoldable pub are_allowed : List ℕ → Bool
+are_allowed [] = true
+are_allowed (byte ∷ text) = is_allowed byte text && are_allowed text
 
 -- a space or a tab
 abbrev pub is_blank : ℕ → Bool

@@ -11,8 +11,8 @@ use Rattle.program_parts.specs.Lines.{without_return}
 use Rattle.header_store.specs.declared.field.Field.{Field}
 use Rattle.header_store.specs.declared.name.Name.{Name}
 use Rattle.header_store.specs.Changed.{same_name}
-use Rattle.header_store.specs.Fields.{IsToken, before_byte, behind_byte, is_blank, is_token_byte}
-use Rattle.header_store.specs.Fields.{is_value_byte, lines_of, value_bytes}
+use Rattle.header_store.specs.Fields.{IsToken, are_allowed, before_byte, behind_byte, is_blank}
+use Rattle.header_store.specs.Fields.{is_token_byte, is_value_byte, lines_of, value_bytes}
 
 -- whether a carriage return stands last
 abbrev pub ends_with_return : List ℕ → Bool
@@ -98,10 +98,11 @@ abbrev pub header_in : List ℕ → List ℕ
 header_in text = take (length text - length (behind_header text)) text
 
 -- The header stands on these lines: its name in front of the first colon, and behind that its
--- value, with blanks around it. The lines are kept as they are.
+-- value, with blanks around it and no forbidden byte. The lines are kept as they are.
 pub record IsHeader (name : Name) (field : Field) (lines : List ℕ) : Type 0 where
   pub token : IsToken name.text.0.now
   pub named : name.text.0.now ≡ before_byte 58 lines
+  pub allowed : are_allowed (behind_byte 58 lines) ≡ true
   pub value : IsTrimAscii (behind_byte 58 lines) (value_bytes field)
   pub stays : lines_of field ≡ lines
 

@@ -5,6 +5,7 @@ ghost use Rattle.std.specs.declared.io.ErrorKind.TheVariants.{InvalidData};
 ghost use Rattle.program_parts.specs.Lines.{mark_of, without_mark};
 ghost use Rattle.ordered_multimap.specs.Changes.{appended};
 ghost use Rattle.header_store.specs.Changed.{same_name};
+ghost use Rattle.header_store.specs.Fields as rfc;
 ghost use Rattle.header_store.specs.Message.{IsHeader, IsReadAs, behind_header, begins_end};
 ghost use Rattle.header_store.specs.Message.{header_in, line_end_in, start_in, whole_line};
 ghost use Rattle.header_store.specs.declared.field.Field.{Field};
@@ -172,7 +173,7 @@ fn header_of(lines: &[u8]) -> io::Result<(Name<'_>, Field<'_>)>
     }
     let (name, value) = split_at_byte(lines, b':');
     let name = name_of(name)?;
-    if !are_value_lines(value) {
+    if !are_allowed(value) {
         return Err(bad("forbidden value"));
     }
     Ok((name, Field::Read(lines, value.trim_ascii())))
@@ -191,11 +192,34 @@ fn fault_in(lines: &[u8]) -> Option<&'static str> {
     }
 }
 
-/// Whether no line of the text has a byte that is forbidden in a value.
-fn are_value_lines(text: &[u8]) -> bool {
-    text.split(|byte| *byte == b'\n').all(|line| without_return(line)
-        .iter()
-        .all(|byte| is_value_byte(*byte)))
+/// Whether each byte of the text may stand in a value, or ends one of its lines.
+#[tactic(auto, using(crate::proofs::Folded::allowed_steps))]
+fn are_allowed(text: &[u8]) -> bool
+    ensures { result ≡ rfc.are_allowed text.now }
+{
+    let mut rest = text;
+    while let Some((byte, behind)) = rest.split_first() {
+        if !is_allowed(*byte, behind) {
+            return false;
+        }
+        rest = behind;
+    }
+    true
+}
+
+fn is_allowed(byte: u8, behind: &[u8]) -> bool
+    ensures { result ≡ rfc.is_allowed byte behind.now }
+{
+    is_value_byte(byte) || byte == b'\n' || (byte == b'\r' && ends_here(behind))
+}
+
+fn ends_here(text: &[u8]) -> bool
+    ensures { result ≡ rfc.ends_here text.now }
+{
+    match text.split_first() {
+        Some((first, _)) => *first == b'\n',
+        None => true,
+    }
 }
 
 /// The first line of the text with what ends it, and what stands behind that.
